@@ -1,7 +1,7 @@
 /* upc.h: the proved policer for ATM cells, as a library for C and C++.
  *
- * Each call returns 0, or the constant of the fault for which it refused, such as UPC_VERIFY_UNWRITTEN, and fills
- * *fault with zeros, or with that fault. A call that refuses writes nothing else, except upc_card_arrive_many.
+ * Each call with a upc_fault *fault returns 0, or the constant of the fault for which it refused, such as
+ * UPC_VERIFY_UNWRITTEN, and fills *fault with zeros, or with that fault. A call that refuses writes nothing else, except upc_card_arrive_many.
  *
  * Each call first looks for null pointers. A fault may be null: then only the result reports it. Octets, moments, contracts,
  * meters, entries and answers may be null if the length next to them is 0. Any other null pointer is refused as
@@ -79,7 +79,7 @@ typedef struct upc_fault {
 } upc_fault;
 UPC_SIZE(upc_fault, 32);
 
-/* The kind of a fault. Names and numbers are those of docs/FORMATS.md, except UPC_CALL, which only the library has. */
+/* The kind of a fault. Names and numbers are those of docs/FORMATS.md, except UPC_CALL and UPC_BURST, which only the library has. */
 enum upc_kind {
 	UPC_FINE = 0,   /* none */
 	UPC_CALL = 1,   /* one of enum upc_call */
@@ -343,7 +343,7 @@ typedef struct upc_id {
 } upc_id;
 UPC_SIZE(upc_id, 8);
 
-/* The answer to a judged cell. */
+/* The answer to a judged cell. A line is a part of the card that serves one connection at a time. Its counts go on when it serves another. */
 typedef struct upc_answer {
 	uint32_t verdict; /* one of enum upc_verdict */
 	uint32_t value;   /* the value of the program: the number of a contract, from 1, or any other, which names none */

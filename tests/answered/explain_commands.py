@@ -144,13 +144,13 @@ OF_CHANNELS = (
         b"line 2: `reload` takes a VPI, a VCI and the name of a program\n",
     ),
     (
-        "Named",
+        "OneConnection",
         b"release 1",
         b"fault script 1 BadLine\n"
         b"line 2: `release` takes a VPI and a VCI\n",
     ),
     (
-        "Named",
+        "OneConnection",
         b"cut 1 100 p1",
         b"fault script 1 BadLine\n"
         b"line 2 column 11: `cut` takes a VPI and a VCI\n",
@@ -208,13 +208,13 @@ OF_PATHS = (
         b"line 2: `reload` takes a VPI, `*` and the name of a program\n",
     ),
     (
-        "Named",
+        "OneConnection",
         b"release 1",
         b"fault script 1 BadLine\n"
         b"line 2: `release` takes a VPI and `*`\n",
     ),
     (
-        "Named",
+        "OneConnection",
         b"cut 1 * p1",
         b"fault script 1 BadLine\n"
         b"line 2 column 9: `cut` takes a VPI and `*`\n",
